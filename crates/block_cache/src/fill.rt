@@ -1,5 +1,5 @@
 // Filling sites over a block, one with those that its evaluation meets.
-ghost use Rattle.std.specs.Prelude.{◌≡◌, ◌+◌, ◌<◌, ◌≤◌, ℕ, true, false, not, [], length, IfOk, OnOk, OnErr};
+ghost use Rattle.std.specs.Prelude.{◌≡◌, ◌+◌, ◌<◌, ℕ, true, false, not, [], length, IfOk, OnOk, OnErr};
 ghost use Rattle.std.specs.List.{filter};
 ghost use Rattle.graph_numbers.specs.{graph_versions};
 ghost use Rattle.expr_lanes.specs.{AreRising, EachPlace, IsSelected};

@@ -1,5 +1,5 @@
 // Filters over a block.
-ghost use Rattle.std.specs.Prelude.{◌≡◌, ℕ, Bool, true, [], Some, length, slice_get, IfOk, OnErr};
+ghost use Rattle.std.specs.Prelude.{◌≡◌, Bool, true, [], Some, length, slice_get, IfOk, OnErr};
 ghost use Rattle.rdf_values.specs.declared.tables.value.ColType.TheVariants as kind;
 ghost use Rattle.expr_lanes.specs.{IsSelected};
 ghost use Rattle.block_cache.specs.{AreReadyOver, CanFillFor, IfPlain, IsPassedFor, IsSettled, IsSpentFor, kinds_of, own_key};

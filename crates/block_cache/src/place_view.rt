@@ -11,7 +11,6 @@ ghost use Rattle.block_cache.specs.ForSites.{HasNumbersOver, IsReadOver, cell_ov
 
 use crate::Lane;
 use crate::block::Block;
-use crate::cells::CellLane;
 use expr_eval::{ColumnInput, Inputs};
 use loop_keys::reading::place as place_of;
 use loop_keys::rows::ValuePlace;

@@ -1,5 +1,5 @@
 // The values of a lane's places.
-ghost use Rattle.std.specs.Prelude.{◌≡◌, ◌<◌, ℕ, length, OnOk, OnErr, Some, slice_get};
+ghost use Rattle.std.specs.Prelude.{◌≡◌, ◌<◌, ℕ, length, OnOk, OnErr};
 ghost use Rattle.rdf_model.specs.{Gives};
 ghost use Rattle.expr_eval.specs.{input_outcome};
 ghost use Rattle.expr_lanes.specs.{at_place};

@@ -1,6 +1,6 @@
 -- What blocks demand, one after another.
 use Rattle.rdf_model.proofs.Faults.{first_of-assoc}
-use Rattle.lemmas.proofs.{add-one, ◌≡◌, ◌⊎◌, inl, inr, ℕ, zero, suc, ◌+◌, ◌<◌, ◌≤◌, Bool, true, false, List, [], ◌∷◌, length, map, take, drop, refl, subst, ap, arith, if◌then◌else◌, min, sum, ◌++◌, Option, ◌∙◌, ◌-◌, slice_range, Some, sym, None, is_some, slice_get, All, count_by, map_length, sum_by-cons, drop_plus, range_length, take-add, drop-append_seam, drop-map, sum_by, AllByRecursion, recursion_from_All, slice_index_or}
+use Rattle.lemmas.proofs.{add-one, ◌≡◌, ◌⊎◌, inl, inr, ℕ, zero, suc, ◌+◌, ◌<◌, ◌≤◌, Bool, true, false, List, [], ◌∷◌, length, map, take, drop, refl, ap, arith, if◌then◌else◌, min, sum, ◌++◌, Option, ◌∙◌, ◌-◌, slice_range, Some, sym, None, is_some, slice_get, All, count_by, map_length, sum_by-cons, drop_plus, range_length, take-add, drop-append_seam, drop-map, sum_by, AllByRecursion, recursion_from_All, slice_index_or}
 use Rattle.rdf_values.specs.{Span, Value, Fault, Pass}
 use Rattle.block_laws.specs.{blocks_from, blocks_of, first_length, IsFirst, more_fit, one_more_fits, row_elements, blocks_demand, cluster_blocks, cluster_demands, CountGoesOn, rows_demand, up_to_fault, marked_at, marked_in}
 use Rattle.rdf_model.specs.{Dataset, first_fault_from, first_of, first_fault_in}

@@ -10,7 +10,7 @@ ghost use Rattle.expr_lanes.specs.{EachPlace};
 ghost use Rattle.block_cache.specs.{holds_at, kinds_of};
 ghost use Rattle.loop_keys.specs.{ArePlain, IsSourceIn, job_graph, key as key_of, row_of, site_in};
 ghost use Rattle.graph_numbers.specs.declared.version.Source.TheVariants as source;
-ghost use Rattle.block_passes.specs.{AreCopiedInTurn, AreHeldInTurn, IsPlainRead, CanServeWith, GivesNumber, GivesVector, HasVector, IsAtHand, IsCopyInTurn, IsOver, IsTurn, IsWhole, source_in_turn, turn_job};
+ghost use Rattle.block_passes.specs.{AreCopiedInTurn, AreHeldInTurn, IsPlainRead, CanServeWith, GivesNumber, GivesVector, HasVector, IsAtHand, IsCopyInTurn, IsOver, IsTurn, source_in_turn, turn_job};
 
 use crate::inputs::{SiteElement, element_at, place_at, source_under};
 use crate::turn::{ActionRead, Turn};

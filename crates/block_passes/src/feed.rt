@@ -1,5 +1,5 @@
 // Whether what an action reads can be fed, and feeding what the passes of a block give.
-ghost use Rattle.std.specs.Prelude.{◌≡◌, ◌<◌, ℕ, IfOk, OnErr, OnOk, Some, ◌+◌, All, List, length, slice_get};
+ghost use Rattle.std.specs.Prelude.{◌≡◌, ◌<◌, ℕ, IfOk, OnErr, OnOk, Some, ◌+◌, All, List, length};
 ghost use Rattle.expr_lanes.specs.{EachPlace};
 ghost use Rattle.actions.specs.{places_of, IsTake};
 ghost use Rattle.loop_keys.specs.{actions_before, facts_in, IsNoTake, numbered_in, passes_in, IsPlainLoop};

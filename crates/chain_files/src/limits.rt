@@ -1,5 +1,5 @@
 // The limits of a part file's lines.
-ghost use Rattle.std.specs.Prelude.{◌≡◌, ◌*◌, ◌^◌};
+ghost use Rattle.std.specs.Prelude.{◌≡◌, ◌*◌};
 ghost use Rattle.std.specs.List.{list_all};
 ghost use Rattle.chain_files.specs.{is_cell_within, is_count_within, is_digest, is_hex, is_small, is_within, widest};
 ghost use Rattle.shard_lines.specs.{AreLimits};

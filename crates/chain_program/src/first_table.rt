@@ -1,7 +1,7 @@
 // The first table of a chain, over which the script is booked.
 ghost use Rattle.std.specs.Prelude.{◌≡◌, ◌≤◌, ◌++◌, ◌∷◌, [], IfOk};
 ghost use Rattle.entry_fns.specs.{functions_in};
-ghost use Rattle.rdf_values.specs.{fn_names, history, IsBookable, IsTable, StatementsHaveWords};
+ghost use Rattle.rdf_values.specs.{fn_names, history, IsBookable, StatementsHaveWords};
 ghost use Rattle.shard_loop.specs.{table_of};
 ghost use Rattle.shard_spans.specs.{loops_of};
 ghost use Rattle.chain_runs.specs.{alone, chain_loops};

@@ -1,7 +1,7 @@
 // The lines that are this program's own, with their statuses.
 ghost use Rattle.std.specs.Prelude.{◌≡◌, ◌⊎◌, ◌++◌, IfOk, decimal, if◌then◌else◌};
 ghost use Rattle.rdf_values.specs.{graph_cause_line, line, long_script_line, long_table_line};
-ghost use Rattle.chain_due.specs.{differs_line, file_refused_line, IsText, long_files_line, long_part_line, printed_status, table_line, uncovered_line, usage_line};
+ghost use Rattle.chain_due.specs.{differs_line, file_refused_line, IsText, long_files_line, printed_status, table_line, uncovered_line, usage_line};
 ghost use Rattle.input_files.specs.{due_of};
 
 use crate::answer::Answer;

@@ -1,5 +1,5 @@
 // Part files.
-ghost use Rattle.std.specs.Prelude.{◌≡◌, ◌≤◌, ◌++◌, ◌∷◌, [], IfOk, OnOk, length};
+ghost use Rattle.std.specs.Prelude.{◌≡◌, ◌≤◌, ◌++◌, ◌∷◌, [], IfOk, OnOk};
 ghost use Rattle.chain_program.specs.{AreTurned, IsPartFile, ReadsParts, ReadsThePart};
 
 use crate::answer::{Answer, Read};

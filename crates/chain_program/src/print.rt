@@ -1,9 +1,8 @@
 // The printing of a part.
-ghost use Rattle.std.specs.Prelude.{◌≡◌, ◌≤◌, ◌<◌, ◌∷◌, [], IfOk, OnOk, length};
+ghost use Rattle.std.specs.Prelude.{◌≡◌, ◌≤◌, ◌<◌, ◌∷◌, [], IfOk, OnOk};
 ghost use Rattle.entry_fns.specs.{functions_in};
 ghost use Rattle.rdf_values.specs.{IsBookable};
 ghost use Rattle.chain_due.specs.{IsPrintDue};
-ghost use Rattle.chain_files.specs.{IsPart};
 ghost use Rattle.chain_program.specs.{AreTurned, CanPrint, IsAnswer, IsPartFile, IsPrintedBy};
 ghost use Rattle.chain_program.specs.Answers.{Answers};
 
@@ -13,7 +12,7 @@ use crate::lines::{bounded, printed_status, uncovered};
 use crate::parts::read_parts;
 use crate::scripts::ScriptText;
 use chain_files::{Part, first_other};
-use chain_text::{chain_text, shaped_loops_fit};
+use chain_text::chain_text;
 use chain_words::Printing;
 use entry_fns::FnList;
 use rdf_outside::Shelf;

@@ -1,5 +1,5 @@
 // The Prints of a script, in order, over the loops of a part.
-ghost use Rattle.std.specs.Prelude.{◌≡◌, ◌<◌, ◌++◌, ℕ, List, IfOk, OnOk, Ok, Some, false, if◌then◌else◌, length, slice_get, true};
+ghost use Rattle.std.specs.Prelude.{◌≡◌, ◌<◌, ◌++◌, List, IfOk, OnOk, Ok, Some, false, if◌then◌else◌, length, slice_get, true};
 ghost use Rattle.graph_numbers.specs.{booked_statements, graph_loops, graph_prints, Pass};
 ghost use Rattle.rdf_model.specs.{Access, accesses, in_front_of, Printed};
 ghost use Rattle.result_text.specs.{passes_at};

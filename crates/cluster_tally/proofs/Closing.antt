@@ -1,5 +1,5 @@
 -- The end of a cluster.
-use Rattle.lemmas.proofs.{◌≡◌, ℕ, ◌+◌, ◌<◌, ◌≤◌, ◌^◌, List, [], ◌∷◌, ◌++◌, length, drop, Option, None, Some, sym, ap, ap₂, ◌∙◌, arith, append-nil, add_assoc, length-append, ◌-◌, count_by, flat_map, slice_get, zero, suc, map, set, ◌⊎◌, inl, inr, refl, replicate, subst, Bool, true, take, get_or, append_assoc, All, OnOk, Result, common_steps, flat_map-append, length-drop, length-take, map-append, sum_by-append, take-add, All-nil, length-map, map-id, map-map, before_or_last, kept_at, last_at, length_push, slice_get-get_or, slice_get-map, All-push, All-weaker, IsStrictlyIncreasing, same_Some}
+use Rattle.lemmas.proofs.{◌≡◌, ℕ, ◌+◌, ◌<◌, ◌≤◌, ◌^◌, List, [], ◌∷◌, ◌++◌, length, drop, Option, None, Some, sym, ap, ap₂, ◌∙◌, arith, append-nil, add_assoc, length-append, ◌-◌, count_by, flat_map, slice_get, zero, suc, map, set, ◌⊎◌, inl, inr, refl, replicate, subst, take, get_or, append_assoc, All, OnOk, Result, common_steps, flat_map-append, length-drop, length-take, map-append, sum_by-append, take-add, All-nil, length-map, map-id, map-map, before_or_last, kept_at, last_at, length_push, slice_get-get_or, slice_get-map, All-push, All-weaker, IsStrictlyIncreasing, same_Some}
 use Rattle.rdf_values.proofs.UnionLemmas.{rises_push, length-below, map-below, none_rises}
 use Rattle.rdf_values.specs.{Item, Span, ActionKind, below, fold_items}
 use Rattle.rdf_model.specs.{if_there, is_reached, Reach, span_rows, list_at}
@@ -7,7 +7,7 @@ use Rattle.rdf_model.specs.declared.loop_facts.LoopFacts.{LoopFacts}
 use Rattle.actions.specs.{from_cluster, Accumulator, HasFed, in_file_order}
 use Rattle.loop_pieces.specs.{both, Counts, entries_over, counts_at, fed_over, HaveTrails, nothing, WatchPiece, LoopPiece, StandsFor, cluster_items, IsOfKind, IsTrail, watch_facts, watch_filled, WatchStandsFor}
 use Rattle.loop_pieces.proofs.ByCluster.{counts_few, entries_few, items_in_order}
-use Rattle.cluster_tally.specs.{block_items, block_reaches, BlockStage, counted, counts_by, counts_in, filter_done, first_items, HoldsIn, IsWithin, taken_in, TallyView, places_there, CanWatch, fed_by, fresh_acc, IsFedAlone, IsFedBy, acc_if, at_begin, Holds, IsFresh, place_if, with_trail, first_reaches, IsAtEnd, note_of, noted_all, noted_at, piece_for, renewed, Stage, times_there}
+use Rattle.cluster_tally.specs.{block_items, block_reaches, BlockStage, counted, counts_by, counts_in, filter_done, first_items, HoldsIn, IsWithin, taken_in, TallyView, places_there, CanWatch, fed_by, fresh_acc, IsFedAlone, IsFedBy, at_begin, Holds, IsFresh, first_reaches, IsAtEnd, note_of, noted_all, noted_at, piece_for, renewed, Stage, times_there}
 use Rattle.std.proofs.lemmas.List.{drop-drop, drop-set-lt, drop_more, length-set, map_more, take_all, take_more_set}
 use Rattle.merge_core.specs.{Noted}
 use Rattle.cluster_tally.specs.Laws as law
@@ -142,22 +142,16 @@ fresh_holds f watched t c facts fresh flow = record {
 
 -- ---- A tally's first and last moments: the first
 
-abbrev with_pass : TallyView → Bool → ActionKind → TallyView
-with_pass t b k = record { accs = t.accs ++ fresh_acc k ∷ []; watched = t.watched ++ acc_if b k ∷ []; flow = t.flow; trails = with_trail b t.trails }
-
 module _ (kinds : List ActionKind) (watched : List ℕ) (t : TallyView) (k : ActionKind) (h : IsFresh kinds watched t) where
-  places_now : (b : Bool) → places_there (length t.watched) (acc_if b k ∷ []) ≡ place_if b kinds
-  places_now b = grind arith
-
-  alone_now : (b : Bool) → (b ≡ true → CanWatch k) → (i : ℕ) (acc : Accumulator) → slice_get (t.watched ++ acc_if b k ∷ []) i ≡ Some (Some acc)
+  alone_now : (w : Option Accumulator) → ((acc : Accumulator) → w ≡ Some acc → CanWatch k × (acc ≡ fresh_acc k)) → (i : ℕ) (acc : Accumulator) → slice_get (t.watched ++ w ∷ []) i ≡ Some (Some acc)
       → (j : ActionKind) × (slice_get (kinds ++ k ∷ []) i ≡ Some j) × CanWatch j × (acc ≡ fresh_acc j)
-  alone_now b can i acc at = grind (arith, before_or_last, kept_at, last_at)
+  alone_now w its i acc at = grind (arith, before_or_last, kept_at, last_at)
 
-  trails_now : (b : Bool) → with_trail b t.trails ≡ map (λ p. []) (watched ++ place_if b kinds)
-  trails_now b = grind (arith, map-append, append-nil)
+  pub fresh_more : IsFresh (kinds ++ k ∷ []) watched (record { accs = t.accs ++ fresh_acc k ∷ []; watched = t.watched ++ None ∷ []; flow = t.flow; trails = t.trails })
+  fresh_more = grind (arith, map-append, length_push, places_more, append-nil, alone_now)
 
-  pub fresh_more : (b : Bool) → (b ≡ true → CanWatch k) → IsFresh (kinds ++ k ∷ []) (watched ++ place_if b kinds) (with_pass t b k)
-  fresh_more b can = grind (arith, map-append, length_push, places_more, places_now, alone_now, trails_now)
+  pub fresh_watched : CanWatch k → IsFresh (kinds ++ k ∷ []) (watched ++ length kinds ∷ []) (record { accs = t.accs ++ fresh_acc k ∷ []; watched = t.watched ++ Some (fresh_acc k) ∷ []; flow = t.flow; trails = t.trails ++ [] ∷ [] })
+  fresh_watched can = grind (arith, map-append, length_push, places_more, alone_now)
 
 pub stands : (f : LoopFacts) (watched done : List ℕ) (c : ℕ) (t : TallyView) (p : LoopPiece) → p.accs.items ≡ t.accs → p.flow ≡ t.flow → Holds f watched (at_begin done c) t → StandsFor f done p
 stands f watched done c t p accs flow h = record {

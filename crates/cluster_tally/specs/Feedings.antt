@@ -1,5 +1,5 @@
 -- What a tally is told, what it is when nothing was told, and what the end of a cluster makes of the watched results.
-use Rattle.std.specs.Prelude.{◌≡◌, ℕ, Bool, List, [], ◌∷◌, ◌++◌, Option, None, Some, if◌then◌else◌, length, map, slice_get, slice_index_or, slice_set}
+use Rattle.std.specs.Prelude.{◌≡◌, ℕ, List, [], ◌∷◌, ◌++◌, Option, None, Some, length, map, slice_get, slice_index_or, slice_set}
 use Rattle.rdf_values.specs.results.Fold as fold
 use Rattle.rdf_values.specs.{ActionKind, fold_items}
 use Rattle.rdf_model.specs.{span_rows}
@@ -21,18 +21,6 @@ pub record IsFresh (kinds : List ActionKind) (watched : List ℕ) (t : TallyView
   pub places : places_there 0 t.watched ≡ watched
   pub alone : (i : ℕ) (acc : Accumulator) → slice_get t.watched i ≡ Some (Some acc) → (k : ActionKind) × (slice_get kinds i ≡ Some k) × CanWatch k × (acc ≡ fresh_acc k)
   pub trails : t.trails ≡ map (λ p. []) watched
-
--- the place of the next pass, where it is watched
-abbrev pub place_if : Bool → List ActionKind → List ℕ
-place_if is_watched kinds = if is_watched then length kinds ∷ [] else []
-
--- the accumulator of its own of a pass, where it is watched
-abbrev pub acc_if : Bool → ActionKind → Option Accumulator
-acc_if is_watched k = if is_watched then Some (fresh_acc k) else None
-
--- one more empty trail, where it is watched
-abbrev pub with_trail : Bool → List (List (Noted WatchPiece)) → List (List (Noted WatchPiece))
-with_trail is_watched trails = if is_watched then trails ++ [] ∷ [] else trails
 
 -- all entries of the cluster are taken in
 pub record IsAtEnd (f : LoopFacts) (s : Stage) (cluster : ℕ) : Type 0 where

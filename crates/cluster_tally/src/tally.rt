@@ -1,11 +1,11 @@
 // Tallies.
-ghost use Rattle.std.specs.Prelude.{◌≡◌, ◌<◌, ◌+◌, ◌++◌, ◌∷◌, [], ℕ, Bool, IsTrue, List, IfOk, OnErr, OnOk, Some, length, map, replicate, slice_get};
+ghost use Rattle.std.specs.Prelude.{◌≡◌, ◌<◌, ◌+◌, ◌++◌, ◌∷◌, [], ℕ, List, IfOk, OnErr, OnOk, Some, length, map, replicate, slice_get};
 ghost use Rattle.rdf_values.specs.{ActionKind};
 ghost use Rattle.rdf_model.specs.declared.loop_facts.LoopFacts.{LoopFacts};
 ghost use Rattle.actions.specs.{Accumulator, EachPlace, Fed, HasEdges, HasFed, HasValues, IsTake};
 ghost use Rattle.loop_pieces.specs.{HaveTrails, nothing, StandsFor};
 ghost use Rattle.cluster_tally.specs.Blocks.{BlockStage, CanFeedBatch, CanNoteCounts, CanTakeIn, HoldsIn, TookIn, TookInIfThere, filter_done, pass_done};
-ghost use Rattle.cluster_tally.specs.Feedings.{IsAtEnd, IsFresh, acc_if, noted_all, noted_at, place_if, renewed, times_there, with_trail};
+ghost use Rattle.cluster_tally.specs.Feedings.{IsAtEnd, IsFresh, noted_all, noted_at, renewed, times_there};
 ghost use Rattle.cluster_tally.specs.Tallies.{Stage, at_begin, CanWatch, Holds, places_there};
 
 use crate::watcher::Watcher;
@@ -34,24 +34,6 @@ impl Model for Tally {
     ghost Value = { TallyView };
 
     ghost view = { λ t. record { accs = t.accs.items; watched = t.watched.items; flow = t.flow; trails = t.trails.items } };
-}
-
-// A watcher of the action, and an empty trail, where it is watched.
-fn watcher_if(
-    alloc: Global,
-    kind: &ActionKind,
-    is_watched: bool,
-    trails: &mut Vec<Trail<WatchPiece>>,
-) -> Result<Option<Watcher>, Memory>
-    requires { IsTrue is_watched → CanWatch kind.now }
-    ensures watcher { IfOk result (λ watcher. watcher ≡ acc_if is_watched kind.now) }
-    ensures trails { OnOk result (trails.new.items ≡ with_trail is_watched trails.old.items) }
-{
-    if !is_watched {
-        return Ok(None);
-    }
-    trails.push(ListOf::new(alloc))?;
-    Ok(Some(Watcher::new(alloc, kind)?))
 }
 
 // Feeds a batch to the accumulator of a pass.
@@ -144,16 +126,27 @@ impl Tally {
         })
     }
 
-    /// Adds an action pass, behind those that were added.
-    pub fn add_pass(&mut self, kind: &ActionKind, is_watched: bool) -> Result<(), Memory>
-        requires edges { HasEdges kind.now }
-        requires watched { IsTrue is_watched → CanWatch kind.now }
-        ensures fresh { (kinds : List ActionKind) (watched : List ℕ) → IsFresh kinds watched self.old
-            → OnOk result (IsFresh (kinds ++ kind.now ∷ []) (watched ++ place_if is_watched kinds) self.new) }
+    /// Adds an action pass that isn't watched, behind those that were added.
+    pub fn add_pass(&mut self, kind: &ActionKind) -> Result<(), Memory>
+        requires { HasEdges kind.now }
+        ensures fresh { (kinds : List ActionKind) (watched : List ℕ) → IsFresh kinds watched self.old → OnOk result (IsFresh (kinds ++ kind.now ∷ []) watched self.new) }
         ensures flow { self.new.flow ≡ self.old.flow }
     {
-        let watcher = watcher_if(self.alloc, kind, is_watched, &mut self.trails)?;
-        self.watched.push(watcher)?;
+        self.watched.push(None)?;
+        self.accs.push(Acc::new(self.alloc, kind)?)?;
+        Ok(())
+    }
+
+    /// Adds a watched action pass, with an empty trail, behind those that were added.
+    pub fn add_watched(&mut self, kind: &ActionKind) -> Result<(), Memory>
+        requires edges { HasEdges kind.now }
+        requires watched { CanWatch kind.now }
+        ensures fresh { (kinds : List ActionKind) (watched : List ℕ) → IsFresh kinds watched self.old
+            → OnOk result (IsFresh (kinds ++ kind.now ∷ []) (watched ++ length kinds ∷ []) self.new) }
+        ensures flow { self.new.flow ≡ self.old.flow }
+    {
+        self.trails.push(ListOf::new(self.alloc))?;
+        self.watched.push(Some(Watcher::new(self.alloc, kind)?))?;
         self.accs.push(Acc::new(self.alloc, kind)?)?;
         Ok(())
     }

@@ -1,7 +1,7 @@
 // The accumulator of a watched result over one cluster.
-ghost use Rattle.std.specs.Prelude.{◌≡◌, ◌<◌, ◌≤◌, ◌+◌, ◌++◌, [], List, None, IfOk, OnErr, OnOk, length};
-ghost use Rattle.rdf_values.specs.{feed_fault, fold_items, spread};
-ghost use Rattle.actions.specs.{EachPlace, Fed, from_cluster, HasFed, HasValues, places_of, Suits, SuitsAt, values_at, values_of};
+ghost use Rattle.std.specs.Prelude.{◌≡◌, ◌<◌, ◌≤◌, ◌+◌, List, None, IfOk, length};
+ghost use Rattle.rdf_values.specs.{feed_fault};
+ghost use Rattle.actions.specs.{EachPlace, Fed, HasFed, HasValues, places_of, SuitsAt, values_at};
 ghost use Rattle.loop_pieces.specs.{IsOfKind, watch_filled};
 ghost use Rattle.cluster_tally.specs.Blocks.{TakesIn};
 ghost use Rattle.cluster_tally.specs.Feedings.{fresh_acc};

@@ -1,5 +1,5 @@
 -- Blocks give their numbers back, one more block, and all blocks give the column.
-use Rattle.lemmas.proofs.{◌≡◌, ◌≤◌, ◌<◌, ◌*◌, ◌%◌, ◌^◌, ℕ, zero, suc, ℤ, pos, ◌+ℤ◌, ◌-ℤ◌, ◌≤ℤ◌, List, [], ◌∷◌, ◌++◌, length, drop, take, Some, refl, sym, ap, ap₂, ◌∙◌, arith, append_assoc, length-append, unsigned_abs, slice_get, All, ◌+◌, ◌-◌, get_or, map, subst, append-nil, Bool, ◌⊎◌, inl, inr, Contains, cond, if◌then◌else◌, nat_eq, nat_lt, All-from_recursion, All-head, All-tail, AllByRecursion, clamps, drop-append_seam, drop_plus, FitsSigned, from_le_bytes-to_le_bytes_2, from_le_bytes-to_le_bytes_4, from_le_bytes-to_le_bytes_8, int_max, int_min, ints, nat_tests, recursion_from_All, to_le_bytes, All-append, All-cons, take-add}
+use Rattle.lemmas.proofs.{◌≡◌, ◌≤◌, ◌<◌, ◌*◌, ◌%◌, ◌^◌, ℕ, zero, suc, ℤ, pos, ◌+ℤ◌, ◌-ℤ◌, ◌≤ℤ◌, List, [], ◌∷◌, ◌++◌, length, drop, take, Some, refl, sym, ap, ap₂, ◌∙◌, arith, append_assoc, length-append, unsigned_abs, slice_get, All, ◌+◌, ◌-◌, get_or, map, subst, append-nil, Bool, ◌⊎◌, inl, inr, Contains, cond, if◌then◌else◌, nat_eq, nat_lt, All-from_recursion, All-head, All-tail, AllByRecursion, clamps, drop-append_seam, drop_plus, FitsSigned, from_le_bytes-to_le_bytes_2, from_le_bytes-to_le_bytes_4, from_le_bytes-to_le_bytes_8, int_max, int_min, ints, nat_tests, to_le_bytes, All-append, All-cons, take-add}
 use mir.Syntax.{w64}
 use native.Mathlib.Nat.{add-mul}
 use Rattle.columns.specs.{greatest_from, IsWidth, least_from, low_bytes, number_in, packed_by, packing_of, values_in, width_of, AreBlocks, block_values, IsBlock, packed_of, cluster_values, joined, IsTight}

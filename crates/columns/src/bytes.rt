@@ -1,6 +1,6 @@
 // Numbers in bytes.
 ghost use Rattle.std.specs.Prelude.{◌≡◌, ◌≤◌, ◌<◌, ◌+◌, ◌*◌, ◌++◌, All, FitsSigned, IfOk, drop, length, vec_capacity, vec_len};
-ghost use Rattle.std.specs.Int.{from_le_bytes, w16, w32, w64};
+ghost use Rattle.std.specs.Int.{from_le_bytes, w64};
 ghost use Rattle.columns.specs.{IsWidth, number_in, packed_by, values_in};
 
 use crate::packing::Packing;

@@ -1,5 +1,5 @@
 // The numbers of an int column, packed.
-ghost use Rattle.std.specs.Prelude.{◌≡◌, ◌≤◌, ◌<◌, ◌+◌, ◌++◌, ℕ, [], IfOk, Some, length, slice_get, slice_index_or, slice_range, drop, take};
+ghost use Rattle.std.specs.Prelude.{◌≡◌, ◌≤◌, ◌<◌, ◌+◌, ◌++◌, ℕ, [], IfOk, Some, length, slice_get, slice_index_or, drop, take};
 ghost use Rattle.rdf_values.specs.{cut};
 ghost use Rattle.columns.specs.Packings.{AreNumbers, IsBlock, cluster_values, packed_of, packing_of};
 ghost use Rattle.columns.specs.Joins.{joined};

@@ -21,7 +21,7 @@ use Rattle.result_text.proofs.Within.{is_in_for, variation_within}
 use Rattle.std.proofs.lemmas.Bool.{and_parts, both_ways, or_cases, or_left}
 use Rattle.histograms.specs.{IsAxis}
 use Rattle.actions.specs.{HasEdges}
-use Rattle.cluster_tally.specs.{CanWatch, IsFresh, place_if, TallyView}
+use Rattle.cluster_tally.specs.{CanWatch, IsFresh, TallyView}
 use Rattle.loop_keys.specs.{IsJob, job_graph, JobView, numbered_in, numbered_passes, passes_in}
 
 -- ---- which results a loop fills, and the passes of a result in a loop, by the numbers of results and by names
@@ -610,12 +610,12 @@ module _ (j : JobView) (n : ℕ) (p : Pass) (here : slice_get (passes_in j) n �
     kept t h = subst (λ ks. IsFresh ks (places_before j (n + 1)) t) (sym same_kinds) (subst (λ ws. IsFresh (kinds_in (take n (passes_in j))) ws t) (sym same_places) h)
 
   -- an action's pass adds its kind, and its place where it is watched
-  pub added : (k : ActionKind) (at : Path) → p.result.booking ≡ ActionAt k at → (w : Bool)
-      → place_if_watched (history j.script) (length (kinds_in (take n (passes_in j)))) p ≡ place_if w (kinds_in (take n (passes_in j)))
-      → (t : TallyView) → IsFresh (kinds_in (take n (passes_in j)) ++ k ∷ []) (places_before j n ++ place_if w (kinds_in (take n (passes_in j)))) t → IsOfPasses j (n + 1) t
-  added k at of w told t h =
+  pub added : (k : ActionKind) (at : Path) → p.result.booking ≡ ActionAt k at → (ws : List ℕ)
+      → places_before j n ++ place_if_watched (history j.script) (length (kinds_in (take n (passes_in j)))) p ≡ ws
+      → (t : TallyView) → IsFresh (kinds_in (take n (passes_in j)) ++ k ∷ []) ws t → IsOfPasses j (n + 1) t
+  added k at of ws told t h =
       subst (λ ks. IsFresh ks (places_before j (n + 1)) t) (sym (kinds_next (passes_in j) n p here ∙ ap (λ b. kinds_in (take n (passes_in j)) ++ kind_in b) of))
-      (subst (λ ws. IsFresh (kinds_in (take n (passes_in j)) ++ k ∷ []) ws t) (sym (places_next ∙ ap (λ l. places_before j n ++ l) told)) h)
+      (subst (λ ws. IsFresh (kinds_in (take n (passes_in j)) ++ k ∷ []) ws t) (sym (places_next ∙ told)) h)
 
 -- those of all passes
 pub of_all : (j : JobView) (n : ℕ) (t : TallyView) → length (passes_in j) ≤ n → IsOfPasses j n t → IsOfPasses j (length (passes_in j)) t

@@ -33,7 +33,13 @@ fn add_pass(tally: &mut Tally, job: &Job<'_>, pass: Pass) -> Result<(), Memory>
 {
     match job.graph.kind(pass.result) {
         ResultKind::Report => Ok(()),
-        ResultKind::Action(kind) => tally.add_pass(kind, is_watched(job.graph, pass)),
+        ResultKind::Action(kind) => {
+            if is_watched(job.graph, pass) {
+                tally.add_watched(kind)
+            } else {
+                tally.add_pass(kind)
+            }
+        }
     }
 }
 

@@ -1,5 +1,5 @@
 // The Prints of a script, in order.
-ghost use Rattle.std.specs.Prelude.{◌≡◌, ◌<◌, ◌≤◌, ◌++◌, ℕ, IfOk, None, Ok, OnOk, Some, false, length, slice_get, true};
+ghost use Rattle.std.specs.Prelude.{◌≡◌, ◌<◌, ◌≤◌, ◌++◌, IfOk, None, Ok, OnOk, Some, false, length, slice_get, true};
 ghost use Rattle.entry_fns.specs.{functions_in};
 ghost use Rattle.rdf_values.specs.{fn_names, history, StatementsHaveWords};
 ghost use Rattle.rdf_model.specs.{accesses, Course, result_lines};

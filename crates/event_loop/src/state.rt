@@ -1,5 +1,5 @@
 // The state of one slot.
-ghost use Rattle.std.specs.Prelude.{◌≡◌, ◌≢◌, ◌<◌, ◌≤◌, ◌+◌, ◌*◌, ◌++◌, ◌∷◌, [], ℕ, All, IfOk, None, Some, Ok, Err, length, slice_get};
+ghost use Rattle.std.specs.Prelude.{◌≡◌, ◌≢◌, ◌<◌, ◌≤◌, ◌+◌, ◌*◌, ◌++◌, ◌∷◌, [], All, IfOk, None, Some, Ok, Err, length, slice_get};
 ghost use Rattle.rdf_values.specs.{Fault, history, StatementsHaveWords};
 ghost use Rattle.loop_keys.specs.{Fits, job_graph, job_of, key_count};
 ghost use Rattle.block_cache.specs.{size_for};

@@ -1,5 +1,5 @@
 // What a call calls, what that takes and what it gives.
-ghost use Rattle.std.specs.Prelude.{◌≡◌, ◌<◌, ◌≤◌, ℕ, length, replicate, slice_get, Ok, Err, MatchOption, IfSome, unwrap_or};
+ghost use Rattle.std.specs.Prelude.{◌≡◌, ◌<◌, ◌≤◌, length, replicate, slice_get, Ok, Err, MatchOption, IfSome, unwrap_or};
 ghost use Rattle.rdf_values.specs.{built_in, callee, callee_in, shape, shape_of};
 ghost use Rattle.rdf_values.specs.declared.scripts.script_cause.GraphCause.TheVariants.{UnknownFunction};
 ghost use Rattle.expr_check.specs.{callee_shape, given_shape, IsCallable};

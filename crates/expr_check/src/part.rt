@@ -1,5 +1,5 @@
 // The kinds of the parts of an expression, and the parts with their columns and functions numbered.
-ghost use Rattle.std.specs.Prelude.{◌≡◌, ◌≤◌, nat_eq, length, Ok, IfOk, IfErr};
+ghost use Rattle.std.specs.Prelude.{◌≡◌, nat_eq, length, Ok, IfOk, IfErr};
 ghost use Rattle.rdf_values.specs.{all_renamed, args_count, Call as CallTree, callee, kind_by, kinds_by, num_tree, num_trees, renamed, shape_of, tree_of, trees_of};
 ghost use Rattle.expr_check.specs.{arguments_fit, RefusedAs};
 

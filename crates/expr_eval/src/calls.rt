@@ -1,5 +1,5 @@
 // What an evaluation needs of a list of functions.
-ghost use Rattle.std.specs.Prelude.{◌≡◌, ◌<◌, ℕ, ℤ, List, Option, length, HoldsAt, slice_get};
+ghost use Rattle.std.specs.Prelude.{◌≡◌, ◌<◌, List, Option, length, HoldsAt, slice_get};
 ghost use Rattle.rdf_values.specs.{fn_names, Function, num_tree};
 ghost use Rattle.rdf_model.specs.{given_call};
 ghost use Rattle.entry_fns.specs.{functions_in};

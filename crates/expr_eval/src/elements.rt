@@ -1,7 +1,7 @@
 // Operations on the elements of vectors.
-ghost use Rattle.std.specs.Prelude.{◌≡◌, ℕ, ℤ, List, length, map, pos, neg_ℤ, slice_get, IfOk};
+ghost use Rattle.std.specs.Prelude.{◌≡◌, ℕ, ℤ, length, map, neg_ℤ, IfOk};
 ghost use Rattle.std.specs.Int.{int_min, int_max};
-ghost use Rattle.rdf_model.specs.{checked, element as element_of, extreme_element, for_all, is_set, is_zero, mark as mark_of, marked as marked_elements, number_operation, Outcome, pairs, sum_from};
+ghost use Rattle.rdf_model.specs.{checked, element as element_of, extreme_element, for_all, is_set, is_zero, mark as mark_of, marked as marked_elements, number_operation, Outcome, pairs};
 ghost use Rattle.std.specs.List.{list_any, list_all};
 ghost use Rattle.expr_eval.specs.Answers.{AnswersAs, number_outcome, number_value, sum_of};
 

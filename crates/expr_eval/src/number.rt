@@ -1,5 +1,5 @@
 // Operations on numbers.
-ghost use Rattle.std.specs.Prelude.{◌≡◌, ℤ, Result, pos, neg_ℤ, nat_abs};
+ghost use Rattle.std.specs.Prelude.{◌≡◌, Result, pos, neg_ℤ, nat_abs};
 ghost use Rattle.rdf_values.specs.declared.expressions.expr.BinOp.TheVariants as op;
 ghost use Rattle.rdf_model.specs.{checked, is_arithmetic as arithmetic, mark as mark_of, number_operation};
 ghost use Rattle.expr_eval.specs.{number_outcome};

@@ -1,5 +1,5 @@
 // Evaluation without vectors.
-ghost use Rattle.std.specs.Prelude.{◌≡◌, ◌+◌, ◌<◌, ◌≤◌, ℕ, ℤ, true, length, All, OnOk, IfOk};
+ghost use Rattle.std.specs.Prelude.{◌≡◌, ◌+◌, ◌<◌, ◌≤◌, true, length, All, OnOk, IfOk};
 ghost use Rattle.rdf_values.specs.{args_count, Call as CallTree, EachArgument, FitsKind, fn_names, Neg as NegTree, Not as NotTree, num_tree, num_trees};
 ghost use Rattle.rdf_values.specs.declared.tables.value.Value.TheVariants.{Int as ValueInt, Bool as ValueBool};
 ghost use Rattle.rdf_model.specs.{argument, call_outcome, evaluate, evaluate_all, FitsOutcome, Gives, of_numbers, operation, value_operation};

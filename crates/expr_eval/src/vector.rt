@@ -1,10 +1,10 @@
 // Evaluation with vectors.
-ghost use Rattle.std.specs.Prelude.{◌≡◌, ◌+◌, ◌≤◌, ℕ, List, [], ◌∷◌, length, map, All, OnOk, IfOk};
+ghost use Rattle.std.specs.Prelude.{◌≡◌, ◌+◌, ◌≤◌, [], ◌∷◌, length, map, All, OnOk, IfOk};
 ghost use Rattle.rdf_values.specs.{args_count, EachArgument, EachColumn, FitsKind, fn_names, num_tree, num_trees};
 ghost use Rattle.rdf_model.specs.{argument, call_outcome, evaluate, evaluate_all, FitsOutcome, for_all, inversion, negation, of_numbers, picked, value_operation, vector_operation};
 ghost use Rattle.entry_fns.specs.{functions_in};
 ghost use Rattle.expr_check.specs.{CallsFit};
-ghost use Rattle.expr_eval.specs.{AnswersAs, AppendsAs, ArgumentsCanCall, CallFits, decision as decided, input_outcome, IsBuiltIn, number_value, operand_value, vector_outcome, view_value};
+ghost use Rattle.expr_eval.specs.{AnswersAs, AppendsAs, ArgumentsCanCall, CallFits, decision as decided, input_outcome, IsBuiltIn, number_value, operand_value, vector_outcome};
 ghost use Rattle.expr_eval.specs.Answers.{CanCall};
 
 use crate::calls::{Calls, answer, callable};

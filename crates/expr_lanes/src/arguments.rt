@@ -1,5 +1,5 @@
 // Calls with the numbers that several lanes hold.
-ghost use Rattle.std.specs.Prelude.{◌≡◌, ◌+◌, ◌<◌, ◌≤◌, ◌++◌, ℕ, length, pos, nat_abs, slice_get};
+ghost use Rattle.std.specs.Prelude.{◌≡◌, ◌+◌, ◌<◌, ◌≤◌, ◌++◌, length, slice_get};
 ghost use Rattle.rdf_values.specs.declared.expressions.num_expr.Callee.TheVariants as fn;
 ghost use Rattle.expr_eval.specs.{CallFits};
 ghost use Rattle.expr_lanes.specs.Marks.{numbers_at, lane_call, given_number};

@@ -1,7 +1,7 @@
 // Evaluation of an expression over a block.
 ghost use Rattle.std.specs.Prelude.{◌≡◌, ◌+◌, ◌<◌, ◌≤◌, ℕ, false, length, All};
 ghost use Rattle.rdf_values.specs.{fn_names};
-ghost use Rattle.rdf_model.specs.{call_outcome, evaluate, FitsOutcome, Gives};
+ghost use Rattle.rdf_model.specs.{call_outcome, evaluate, FitsOutcome};
 ghost use Rattle.entry_fns.specs.{functions_in};
 ghost use Rattle.expr_check.specs.{CallsFit, is_vector};
 ghost use Rattle.expr_lanes.specs.{CanLane, depth, HasValues, IsReady};

@@ -1,5 +1,5 @@
 // What is computed at each place.
-ghost use Rattle.std.specs.Prelude.{◌≡◌, ◌<◌, ◌≤◌, ℕ, ℤ, length, pos, nat_abs};
+ghost use Rattle.std.specs.Prelude.{◌≡◌, ◌<◌, ℕ, ℤ, length, pos, nat_abs};
 ghost use Rattle.rdf_model.specs.{checked, Gives, number_operation};
 ghost use Rattle.expr_eval.specs.{number_outcome, number_value};
 ghost use Rattle.expr_lanes.specs.Marks.{lane_outcome};

@@ -1,5 +1,5 @@
 -- Texts that spell tokens, and the canonical text of an expression.
-use Rattle.lemmas.proofs.{◌≡◌, ◌+◌, ◌∙◌, ℕ, suc, Bool, true, false, List, [], ◌∷◌, ◌++◌, length, drop, Ok, arith, refl, sym, ap, subst, append_assoc, add-zero, zero-add, nat_eq, length-append, ◌≤◌, ◌<◌, ◌^◌, ℤ, pos, negsuc, Some, not, codes, take_while, nat_le, ◌&&◌, ◌||◌, decimal, add-one, ◌-◌, zero, all_ascii_digits, both_true, decimal_nonempty, digits_decimal, eqb-true, lt-leb, leb-true, list_all, map-append, nat_tests, not-true, prefix_len, right_false, signed_decimal, take-append_seam, append-nil, leb-false, le-leb, drop-append_seam}
+use Rattle.lemmas.proofs.{◌≡◌, ◌+◌, ◌∙◌, ℕ, suc, Bool, true, false, List, [], ◌∷◌, ◌++◌, length, Ok, arith, refl, sym, ap, subst, append_assoc, add-zero, zero-add, nat_eq, length-append, ◌≤◌, ◌<◌, ◌^◌, ℤ, pos, negsuc, Some, not, codes, take_while, nat_le, ◌&&◌, ◌||◌, decimal, add-one, ◌-◌, zero, all_ascii_digits, both_true, decimal_nonempty, digits_decimal, eqb-true, lt-leb, leb-true, list_all, map-append, nat_tests, not-true, prefix_len, right_false, signed_decimal, take-append_seam, append-nil, leb-false, le-leb, drop-append_seam}
 use Rattle.rdf_values.specs.{bare, before, BinOp, first_token, is_blank, is_digit, is_name, is_word, is_word_byte, is_word_start, long_mark, magnitude_of, Mark, number_first, Op, op_text, Placed, Punct, same, short_mark, Token, tokens_within, truth_text, word_first, word_token, args_text, args_tokens, Bin, Call, Col, Cond, enclosed, End, in_parens, level_of, Lit, More, more_text, more_tokens, NamedTree, NamedTrees, Neg, Not, Pick, text_of, tokens_of, tree_level, binary, conditional, last_argument, minus_sign, more_arguments, name, no_arguments, not_sign, number, parenthesized, pick, Reads, ReadsArgs, tighter, tokens_at_level, truth}
 use Rattle.rdf_values.specs.expressions.Tokens.{Word, Truth, Number}
 use Rattle.expr_read.proofs.TokenSteps.{before_more, before_none, first_blank, first_found, first_word, first_number}

@@ -1,6 +1,6 @@
 -- The tokens of a text, one by one: how many bytes each takes, and what holds of it.
 use Rattle.lemmas.proofs.{◌≡◌, ◌≤◌, ◌<◌, ◌+◌, ℕ, Bool, true, false, List, [], ◌∷◌, length, Option, Some, None, Ok, Err, arith, refl, sym, ap, subst, ◌∙◌, length-take, length-drop, ◌-◌, get_or, drop, take, take_while, nat_le, codes, ◌||◌, MatchResult, IfSome, if◌then◌else◌, suc, ◌++◌, add-zero, append_assoc, length-append, Result, zero, both_true, common_steps, drop_more, list_all, nat_tests, prefix_len, take_while-cons, append-nil, drop-drop, drop_all, and_from, prefix_len-le-length}
-use Rattle.rdf_values.specs.{First, first_token, is_digit, is_name, is_word, is_word_byte, is_word_start, long_first, long_mark, long_marks, magnitude_of, mark_first, number_first, number_found, Refusal, same, short_first, short_mark, short_marks, Token, word_first, and_then, before, from, is_blank, Placed, tokens_at, tokens_within, bare, behind, blanks, tokens}
+use Rattle.rdf_values.specs.{First, first_token, is_digit, is_name, is_word, is_word_byte, is_word_start, long_first, long_mark, long_marks, magnitude_of, mark_first, number_first, number_found, Refusal, same, short_first, short_mark, Token, word_first, and_then, before, from, is_blank, Placed, tokens_at, tokens_within, bare, behind, blanks, tokens}
 use Rattle.rdf_values.specs.expressions.Tokens.{mark_in, too_many}
 use Rattle.rdf_values.proofs.OneText.{magnitude_bound}
 use Rattle.expr_read.specs.{is_valid, are_valid}

@@ -1,5 +1,5 @@
 // Reads tokens as an expression, from the left with one token in hand.
-ghost use Rattle.std.specs.Prelude.{◌≡◌, ◌≤◌, ◌<◌, [], ◌∷◌, ◌++◌, Err, List, ℕ, length, drop, OnOk, IfOk, IfErr, IfSome, map, true};
+ghost use Rattle.std.specs.Prelude.{◌≡◌, ◌≤◌, ◌<◌, Err, List, length, drop, OnOk, IfOk, IfErr, IfSome, map, true};
 ghost use Rattle.rdf_values.specs.{bare, begin_values, is_name, level_of, Op, Placed as At, Punct, scan, tree_of, trees_of};
 ghost use Rattle.rdf_values.specs.expressions.Tokens.{Word};
 ghost use Rattle.expr_read.specs.declared.parser.Fail.TheVariants.{Memory as OutOfMemory};

@@ -1,5 +1,5 @@
 // Prints expressions.
-ghost use Rattle.std.specs.Prelude.{◌≡◌, ◌++◌, ◌≤◌, nat_le, codes, OnOk, IfOk, List, ℕ};
+ghost use Rattle.std.specs.Prelude.{◌≡◌, ◌++◌, nat_le, OnOk, IfOk, List, ℕ};
 ghost use Rattle.std.specs.Fmt.{signed_decimal};
 ghost use Rattle.rdf_values.specs.{args_text, in_parens, more_text, op_text, ReadsText, text_of, tree_level, tree_of, trees_of};
 

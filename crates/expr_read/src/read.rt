@@ -1,5 +1,5 @@
 // Reads expressions.
-ghost use Rattle.std.specs.Prelude.{◌≡◌, ◌≤◌, ℕ, length, map, true, IfOk, IfErr, MatchResult};
+ghost use Rattle.std.specs.Prelude.{◌≡◌, ◌≤◌, length, map, true, IfOk, IfErr, MatchResult};
 ghost use Rattle.rdf_values.specs.{bare, begin_expr, begin_values, NamedTree, Reads, ReadsText, ReadsValues, ReadsValuesText, tree_of, VaryValues as Values};
 ghost use Rattle.expr_read.specs.{are_valid, place_from, placed_of, RefusesTextAs, RefusesTokensAs};
 

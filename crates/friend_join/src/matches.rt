@@ -1,5 +1,5 @@
 // The friend's entries that match.
-ghost use Rattle.std.specs.Prelude.{◌≡◌, ◌≤◌, ◌<◌, ◌^◌, ◌⊎◌, ◌++◌, ⊤, ℕ, None, Some, length, map, IfOk, OnOk, MatchOption, MatchResult};
+ghost use Rattle.std.specs.Prelude.{◌≡◌, ◌≤◌, ◌<◌, ◌⊎◌, ◌++◌, ℕ, None, Some, length, map, IfOk, OnOk, MatchResult};
 ghost use Rattle.rdf_values.specs.{count};
 ghost use Rattle.columns.specs.{joined, whole};
 ghost use Rattle.friend_join.specs.{AreInts, entry_of, first_repeat, ints_in};

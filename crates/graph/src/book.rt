@@ -1,10 +1,10 @@
 // The booking of a script's lines: each is checked after those before it, and then added.
 #![tactic(auto, using(crate::proofs::Walking::no_memory, crate::proofs::Walking::handed_on, crate::proofs::Walking::stopped_before, crate::proofs::Walking::stopped_last, crate::proofs::Walking::passed_before, crate::proofs::Walking::alone))]
 
-ghost use Rattle.std.specs.Prelude.{◌≡◌, ◌≤◌, ◌∷◌, [], length, None, Ok, Option, Result, IfOk, IfErr};
+ghost use Rattle.std.specs.Prelude.{◌≡◌, ◌≤◌, ◌∷◌, [], length, Ok, Option, Result, IfOk, IfErr};
 ghost use Rattle.std.specs.List.{AllByRecursion};
 ghost use Rattle.rdf_values.specs.{check_node, first_refusal, GraphCause, IsShort, kind_of, refusal_in, scope_of};
-ghost use Rattle.graph.specs.{AreTables, IsRefusal, IsStop, refused, refused_then, statements, Decides, IsGainAfter, verdict_after, history, IsEmptyGain, IsMadeGain, IsRowGain, named_rows, scope_before};
+ghost use Rattle.graph.specs.{AreTables, IsRefusal, refused, statements, Decides, IsGainAfter, verdict_after, history, IsEmptyGain, IsMadeGain, IsRowGain, named_rows, scope_before};
 ghost use Rattle.rdf_values.specs.declared.scripts.statement.Statement.TheVariants.{Alias, Filter, Vary};
 ghost use Rattle.graph.specs.declared.tables.ResultRow.{ResultRow};
 
@@ -17,11 +17,9 @@ use crate::sets::{changed_sets, kinds_at, sets_of};
 use crate::tables::{Change, ResultRow, Tables};
 use crate::variations::full_names;
 use crate::versions::varied_versions;
-use expr_check::Checked;
 use graph_numbers::Version;
 use rdf_values::{
-    ActionKind, ColType, Column, Expr, FnNames, GraphCause, Label, Line, ListOf, Memory, Name,
-    Statement,
+    ColType, Column, Expr, FnNames, GraphCause, Label, Line, ListOf, Memory, Name, Statement,
 };
 use std::alloc::Global;
 

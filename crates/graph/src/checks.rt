@@ -2,7 +2,7 @@
 #![tactic(auto, using(crate::proofs::Walking::targets_more, crate::proofs::Walking::handed_on, crate::proofs::Walking::no_memory, crate::proofs::Walking::stops_for, crate::proofs::Walking::stopped_before, crate::proofs::Walking::passed_before, crate::proofs::Walking::alone, crate::proofs::Finished::filters_are))]
 
 ghost use Rattle.std.specs.Prelude.{◌≡◌, ◌∷◌, [], ℕ, List, length, nat_lt, IfOk, OnOk};
-ghost use Rattle.rdf_values.specs.{ActionKind, among, are_edges, begins, check_columns, check_edges, check_list, check_lists, check_results, check_tags, check_values, check_vector_column, columns_of, expect_kind, first_refusal, is_result, kind_of, may_begin, permitted_kinds, refuse_if, refuse_unless, repeats, rises, scope_of, Statement, variations, watched_results};
+ghost use Rattle.rdf_values.specs.{ActionKind, among, are_edges, begins, check_columns, check_edges, check_list, check_lists, check_results, check_tags, check_values, check_vector_column, columns_of, first_refusal, is_result, may_begin, permitted_kinds, refuse_if, refuse_unless, repeats, rises, scope_of, Statement, variations, watched_results};
 ghost use Rattle.rdf_values.specs.declared.scripts.script_cause.GraphCause.TheVariants as cause_of;
 ghost use Rattle.rdf_values.specs.declared.scripts.statement.Statement.TheVariants.{Action, Print, Report, VariationsFor, Vary, Watch};
 ghost use Rattle.rdf_values.specs.declared.tables.value.ColType.TheVariants as a_kind;

@@ -1,7 +1,7 @@
 // The booked graph.
 #![tactic(auto, using(crate::proofs::Finished::row_count, crate::proofs::Finished::name_is, crate::proofs::Finished::set_is, crate::proofs::Finished::kind_is, crate::proofs::Finished::path_filters, crate::proofs::Finished::path_inputs, crate::proofs::Finished::path_covers, crate::proofs::Finished::site_count, crate::proofs::Finished::site_set_count, crate::proofs::Finished::site_set_is))]
 
-ghost use Rattle.std.specs.Prelude.{◌≡◌, ◌<◌, ◌≤◌, ℕ, length, Some, option_map, slice_get, IfOk};
+ghost use Rattle.std.specs.Prelude.{◌≡◌, ◌<◌, ◌≤◌, ℕ, length, Some, option_map, slice_get};
 ghost use Rattle.rdf_values.specs.{Answers, is_watched, IsBookable, IsHeader};
 ghost use Rattle.rdf_model.specs.{accesses, loop_of};
 ghost use Rattle.graph_numbers.specs.{booked, booked_statements, graph_filters, graph_loops, graph_prints, graph_results, graph_sites, graph_sources, graph_variations, graph_versions, IsGraph, IsSiteExpr, kind_of_booking, result_depends_at, site_depends_at};

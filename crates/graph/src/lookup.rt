@@ -1,5 +1,5 @@
 // Look-ups in the statements so far, the latest first: each walks them as its definition does.
-ghost use Rattle.std.specs.Prelude.{◌^◌, ◌≡◌, ◌<◌, ◌≤◌, ◌+◌, true, false, codes, length, MatchOption, IfSome, Some, slice_get, IfOk, List, []};
+ghost use Rattle.std.specs.Prelude.{◌^◌, ◌≡◌, ◌<◌, ◌≤◌, ◌+◌, true, false, length, MatchOption, IfSome, Some, slice_get, IfOk};
 ghost use Rattle.std.specs.List.{list_any, position};
 ghost use Rattle.rdf_values.specs.{FunctionNames, is_alias, is_node, is_result, is_visible, makes, parent_of, path, same, scope_at, scope_of, target_of, expression_count, named_before, ActionAt, among, bookings, can_watch, filled, is_report, is_watched, names_of, Path, result_is, Statement, watched_results};
 ghost use Rattle.graph.specs.{own_target, own_visible, statements, count_from, filter_numbers, labels, site_total, own_site_total};

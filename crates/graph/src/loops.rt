@@ -12,7 +12,6 @@ use crate::sets::VarSet;
 use crate::tables::ResultRow;
 use graph_numbers::Pass;
 use rdf_values::{Line, ListOf, Memory, Name, Statement};
-use std::alloc::Global;
 
 /// The passes of each loop; for each Print its result and the loop that fills it; and for each result that is filled its loop.
 #[derive(Drop)]

@@ -1,12 +1,12 @@
 // Sets of variations of versions, sites and filters.
 ghost use Rattle.std.specs.Prelude.{◌≡◌, ◌<◌, ◌≤◌, ◌||◌, ℕ, false, nat_eq, ◌+◌, map, length, IfOk};
-ghost use Rattle.graph.specs.{has, members_below, any_has, has_at, is_among_own, AreSets, changed_set, read_sets, scope_before, set_changed, variation_count};
+ghost use Rattle.graph.specs.{has, members_below, any_has, has_at, is_among_own, AreSets, read_sets, scope_before, set_changed, variation_count};
 ghost use Rattle.rdf_values.specs.{column_kind, kind_or_int};
 
 use crate::before::Before;
 use crate::tables::Change;
 use expr_check::Checked;
-use rdf_values::{ColType, Memory, Name};
+use rdf_values::{ColType, Memory};
 
 /// A set of numbers below 128.
 #[derive(Clone, Copy, Debug, PartialEq, Eq)]

@@ -1,5 +1,5 @@
 // The edges of an axis.
-ghost use Rattle.std.specs.Prelude.{◌≡◌, ◌↔◌, ◌<◌, ◌-◌, ◌^◌, ◌+◌, ◌*◌, ◌≤◌, ℤ, List, length, true, false, IfOk};
+ghost use Rattle.std.specs.Prelude.{◌≡◌, ◌↔◌, ◌<◌, ◌-◌, ◌^◌, ◌+◌, ◌*◌, ◌≤◌, ℤ, List, length, false, IfOk};
 ghost use Rattle.rdf_values.specs.{are_edges, bin, rises};
 ghost use Rattle.histograms.specs.Axis.{KeepsEdges};
 

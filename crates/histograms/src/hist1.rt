@@ -1,5 +1,5 @@
 // Histograms of one axis.
-ghost use Rattle.std.specs.Prelude.{◌≡◌, ◌<◌, ◌≤◌, ◌+◌, ◌∷◌, ◌++◌, [], List, IfOk, ℕ, length, map, slice_get, Some};
+ghost use Rattle.std.specs.Prelude.{◌≡◌, ◌<◌, ◌≤◌, ◌+◌, ◌∷◌, ◌++◌, [], List, IfOk, length, map, slice_get, Some};
 
 use crate::cell_sum::{self, CellSum};
 use crate::edges::Edges;

@@ -1,7 +1,6 @@
 // An entry that is read, and what is known of its sites.
-ghost use Rattle.std.specs.Prelude.{◌≡◌, ◌<◌, length, Some, slice_get, option_map};
-ghost use Rattle.rdf_values.specs.{history};
-ghost use Rattle.graph_numbers.specs.{graph_filters, graph_results, graph_sites, graph_versions, IsSiteExpr};
+ghost use Rattle.std.specs.Prelude.{◌≡◌, ◌<◌, length};
+ghost use Rattle.graph_numbers.specs.{graph_sites, graph_versions, IsSiteExpr};
 ghost use Rattle.loop_keys.specs.{Fits, IsRow, job_graph, job_of, key as key_of, key_count, key_under, place_of, source_at};
 
 use crate::job::Job;

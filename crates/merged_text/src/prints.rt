@@ -1,5 +1,5 @@
 // The Prints of a script, in order, over merged loops.
-ghost use Rattle.std.specs.Prelude.{◌≡◌, ◌<◌, ◌++◌, ℕ, IfOk, Ok, Some, false, if◌then◌else◌, length, slice_get, true};
+ghost use Rattle.std.specs.Prelude.{◌≡◌, ◌<◌, IfOk, Ok, Some, false, if◌then◌else◌, length, slice_get, true};
 ghost use Rattle.graph_numbers.specs.{booked_statements, graph_prints};
 ghost use Rattle.rdf_model.specs.{Access, accesses, in_front_of, Printed};
 ghost use Rattle.merged_text.specs.{access_printed, FitGraph, merged_text};

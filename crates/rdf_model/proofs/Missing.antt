@@ -1,9 +1,9 @@
 -- Evaluation is the same whatever stands for what is missing.
-use Rattle.lemmas.proofs.{arith, ◌≡◌, ℕ, ℤ, Bool, true, false, List, [], ◌∷◌, Option, if◌then◌else◌, length, nat_eq, slice_get, ◌+ℤ◌, pos, negsuc}
+use Rattle.lemmas.proofs.{arith, ◌≡◌, ℕ, ℤ, Bool, true, false, List, [], ◌∷◌, Option, if◌then◌else◌, length, nat_eq, ◌+ℤ◌, pos, negsuc}
 use Rattle.rdf_values.specs.{Bin, BinOp, Call, Callee, callee, Col, Column, Cond, EachArgument, EachColumn, End, fn_names, Function, More, NamedTree, Neg, Not, Path, Pick, place, same, target_of, Tree, Trees, Under, Value, VaryValues}
 use Rattle.rdf_values.proofs.KeptLemmas.{all_columns}
 use Rattle.rdf_values.specs.declared.scripts.statement.Statement.TheVariants.{Define, Redefine, Vary}
-use Rattle.rdf_model.specs.{◌>>=◌, answer_outcome, call_outcome, cell, checked, chosen_side, column_value, divided, element, element_outcome, evaluate, evaluate_all, expression_value, extreme_element, for_all, given_call, Gives, in_order, inversion, is_zero, named_call, named_value, needs, negation, number_operation, operation, Outcome, own_place, pairs, picked, sum_from, tag_element, tag_value, value_if, value_operation, varied, vector_operation, with_needs}
+use Rattle.rdf_model.specs.{◌>>=◌, answer_outcome, call_outcome, cell, checked, column_value, divided, element, evaluate, evaluate_all, expression_value, extreme_element, for_all, given_call, Gives, in_order, is_zero, named_call, named_value, needs, number_operation, operation, Outcome, own_place, pairs, picked, sum_from, tag_element, tag_value, value_if, value_operation, varied, vector_operation, with_needs}
 use Rattle.rdf_model.specs.Laws.{Alike, gives, faults}
 
 module _ (M N : Type 0) where

@@ -1,5 +1,4 @@
 // What a shelf and a sink answer to an answer of std.
-ghost use Rattle.std.specs.Prelude.{◌≡◌};
 ghost use Rattle.std.specs.Io.{ReadsAtMost};
 ghost use Rattle.std.specs.Io.KnownBytes.{ReadConsumes};
 ghost use Rattle.rdf_outside.specs.{AnswersMiss, AnswersOpen, AnswersRead, AnswersWrite, HasCause, TurnHasCause};

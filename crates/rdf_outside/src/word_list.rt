@@ -3,7 +3,10 @@ ghost use Rattle.std.specs.Prelude.{◌≡◌, ◌<◌, ◌∷◌, ◌++◌, [],
 
 use rdf_values::Memory;
 use std::alloc::Global;
+use std::env;
+use std::io::ErrorKind;
 use std::marker::Model;
+use std::rt::Env;
 
 /// The words of a command, without the program's name.
 #[derive(Drop)]
@@ -29,6 +32,23 @@ impl WordList {
         WordList {
             alloc,
             words: Vec::new(alloc),
+        }
+    }
+
+    /// The words after the program's name. Where one isn't UTF-8 there are none, which is a faulty command line too.
+    pub fn of_command<R: Env + AllocGlobal>(rt: &R) -> Result<WordList, Memory> {
+        let mut words = WordList::new(rt.alloc());
+        match env::args(rt) {
+            Ok(args) => {
+                for word in args.skip(1) {
+                    words.push(word.as_str())?;
+                }
+                Ok(words)
+            }
+            Err(error) => match error.kind() {
+                ErrorKind::OutOfMemory => Err(Memory),
+                _ => Ok(words),
+            },
         }
     }
 

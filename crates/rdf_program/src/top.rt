@@ -1,5 +1,5 @@
 // The top call.
-ghost use Rattle.std.specs.Prelude.{◌≡◌, ◌⊎◌, [], List, ℕ};
+ghost use Rattle.std.specs.Prelude.{◌≡◌, ◌⊎◌, []};
 ghost use Rattle.entry_fns.specs.{functions_in};
 ghost use Rattle.result_text.specs.{usage_line};
 ghost use Rattle.rdf_outside.specs.{Appends, Rose};

@@ -1,5 +1,5 @@
 // The cells of histograms.
-ghost use Rattle.std.specs.Prelude.{◌≡◌, ◌≤◌, ◌<◌, ◌+◌, ◌++◌, ℕ, List, [], OnOk, Some, codes, length, slice_index_or, unwrap_or};
+ghost use Rattle.std.specs.Prelude.{◌≡◌, ◌≤◌, ◌<◌, ◌+◌, ◌++◌, [], OnOk, Some, length, slice_index_or};
 ghost use Rattle.rdf_model.specs.{cell_lines, cell_names, plane_lines};
 ghost use Rattle.histograms.specs.{cell_seen};
 ghost use Rattle.result_text.specs.{behind, line_at, name_at, plane_at};

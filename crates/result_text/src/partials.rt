@@ -1,5 +1,5 @@
 // The lines of partial results.
-ghost use Rattle.std.specs.Prelude.{◌≡◌, ◌++◌, ◌<◌, ◌-◌, OnOk, IfOk, All, ℕ, Some, [], length, option_map, slice_get, decimal};
+ghost use Rattle.std.specs.Prelude.{◌≡◌, ◌++◌, ◌<◌, ◌-◌, OnOk, IfOk, All, Some, length, slice_get};
 ghost use Rattle.graph_numbers.specs.{graph_results, ResultAt};
 ghost use Rattle.rdf_model.specs.{run_text, value_text};
 ghost use Rattle.loop_pieces.specs.{PartialLine, watch_filled};

@@ -1,6 +1,6 @@
 // The lines of results.
 ghost use Rattle.std.specs.Prelude.{◌≡◌, ◌<◌, ◌≤◌, ◌+◌, ◌^◌, ◌++◌, ℕ, All, IfOk, OnOk, None, Some, length, map, slice_get, vec_len};
-ghost use Rattle.graph_numbers.specs.{booked_statements, graph_filters, graph_results, graph_variations, kind_of_booking, ResultAt};
+ghost use Rattle.graph_numbers.specs.{graph_filters, graph_results, kind_of_booking, ResultAt};
 ghost use Rattle.graph.specs.{has};
 ghost use Rattle.rdf_model.specs.{flow_lines};
 ghost use Rattle.result_text.specs.{filled_text, FitsResult, flow_at, members_from, under_lines};

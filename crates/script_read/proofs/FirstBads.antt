@@ -1,5 +1,5 @@
 -- Refusals of the first bad string of several.
-use Rattle.lemmas.proofs.{◌≡◌, List, [], ◌∷◌, ◌++◌, Result, IfErr, err_from_is_err_and, IsErrAnd}
+use Rattle.lemmas.proofs.{◌≡◌, List, ◌∷◌, ◌++◌, Result, IfErr, err_from_is_err_and, IsErrAnd}
 use Rattle.rdf_values.specs.{AnExpression, begin_expr, begin_values, FirstBad, here, IsBad, later, LineRefusal, NamedTree, QuotedText, Reads, ReadsText, ReadsValues, ReadsValuesText, SomeValues, VaryValues}
 use Rattle.rdf_values.specs.scripts.Statements.{Wanted}
 use Rattle.rdf_values.specs.scripts.Statements as st

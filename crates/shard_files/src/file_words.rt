@@ -3,19 +3,7 @@ ghost use Rattle.std.specs.Prelude.{◌≡◌, IfOk, option_map};
 ghost use Rattle.rdf_values.specs.{magnitude_of};
 ghost use Rattle.shard_lines.specs.{line_of_words, words_behind, words_in};
 ghost use Rattle.shard_files.specs.{shard_limits};
-ghost use Rattle.shard_files.specs.Reading.{
-  column_of_words,
-  fault_kind_of,
-  fault_of_number,
-  fault_of_words,
-  file_line_behind,
-  file_line_of,
-  file_word_of,
-  name_of,
-  span_of_words,
-  stored_kind_of,
-  table_of_words,
-};
+ghost use Rattle.shard_files.specs.Reading.{column_of_words, fault_kind_of, fault_of_number, fault_of_words, file_line_behind, file_line_of, file_word_of, span_of_words, stored_kind_of, table_of_words};
 
 use crate::file_line::FileLine;
 use crate::file_word::FileWord;

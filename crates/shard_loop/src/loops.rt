@@ -1,7 +1,7 @@
 // The loops of a graph over a span, in order.
 ghost use Rattle.std.specs.Prelude.{◌≡◌, ◌<◌, ◌≤◌, IfOk, length};
 ghost use Rattle.entry_fns.specs.{functions_in};
-ghost use Rattle.rdf_values.specs.{cut, fn_names, history, StatementsHaveWords};
+ghost use Rattle.rdf_values.specs.{fn_names, history, StatementsHaveWords};
 ghost use Rattle.loop_keys.specs.{Fits, job_of, job_spans, passes_in};
 ghost use Rattle.graph_numbers.specs.{graph_loops};
 ghost use Rattle.shard_files.specs.{is_faulty};

@@ -1,5 +1,5 @@
 // The lines that are this program's own.
-ghost use Rattle.std.specs.Prelude.{◌≡◌, ◌++◌, IfOk};
+ghost use Rattle.std.specs.Prelude.{◌≡◌, IfOk};
 ghost use Rattle.shard_due.specs.{differs_line, file_refused_line, long_files_line, span_line, uncovered_line, usage_line};
 
 use rdf_values::{Memory, Text};

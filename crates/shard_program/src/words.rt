@@ -1,5 +1,5 @@
 // What the program answers to its words, before anything is written.
-ghost use Rattle.std.specs.Prelude.{◌≡◌, ◌≤◌, IfOk, OnOk};
+ghost use Rattle.std.specs.Prelude.{IfOk, OnOk};
 ghost use Rattle.entry_fns.specs.{functions_in};
 ghost use Rattle.shard_program.specs.{AnswersWords, AreTurns};
 

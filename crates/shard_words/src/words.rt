@@ -1,5 +1,5 @@
 // Reading the command's words.
-ghost use Rattle.std.specs.Prelude.{◌≡◌, ◌≤◌, ◌<◌, ◌++◌, IfOk, drop, length};
+ghost use Rattle.std.specs.Prelude.{◌≡◌, ◌≤◌, ◌<◌, IfOk, drop, length};
 ghost use Rattle.shard_words.specs.{asked_for, asked_of, merge_of, merge_with, run_of, run_with};
 
 use crate::command::{Merging, ShardCommand, SpanRun};

@@ -1,5 +1,5 @@
 // Trying the filters above a node.
-ghost use Rattle.std.specs.Prelude.{◌≡◌, ◌<◌, length};
+ghost use Rattle.std.specs.Prelude.{◌<◌, length};
 ghost use Rattle.std.specs.List.{AllByRecursion};
 ghost use Rattle.graph_numbers.specs.{through_sites};
 ghost use Rattle.snapshot_entries.specs.{AreKnown, data_of, IsAnswer, IsWork, outcome_of, passes_by, plan_of, site_in, site_total};

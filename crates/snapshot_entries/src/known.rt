@@ -4,7 +4,7 @@ ghost use Rattle.snapshot_plan.specs.{PlanView};
 ghost use Rattle.rdf_model.specs.{Dataset};
 ghost use Rattle.snapshot_entries.specs.{AreKnown, site_total};
 
-use rdf_values::{EntryFault, ListOf, Memory, Value};
+use rdf_values::{EntryFault, Memory, Value};
 use std::alloc::Global;
 
 /// What a site came to in the entry in which it was evaluated last.

@@ -1,6 +1,6 @@
 // An entry that is read.
-ghost use Rattle.std.specs.Prelude.{◌≡◌, ◌<◌, length, slice_get, Some};
-ghost use Rattle.graph_numbers.specs.{graph_sources, graph_versions, IsSiteExpr};
+ghost use Rattle.std.specs.Prelude.{◌≡◌, ◌<◌, length};
+ghost use Rattle.graph_numbers.specs.{graph_versions, IsSiteExpr};
 ghost use Rattle.snapshot_entries.specs.{data_of, IsWork, plan_graph, plan_of, site_total, source_of as source_in};
 
 use crate::job::SnapJob;

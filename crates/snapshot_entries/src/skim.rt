@@ -1,5 +1,5 @@
 // Clusters of a snapshot.
-ghost use Rattle.std.specs.Prelude.{◌≡◌, ◌<◌, ◌≤◌, IfOk, length};
+ghost use Rattle.std.specs.Prelude.{◌≡◌, ◌<◌, IfOk, length};
 ghost use Rattle.snapshot_entries.specs.{data_of, IsEntryAnswer, IsRange, IsSkimAnswer, IsSkimOf, IsWork, plan_of, stop_from};
 
 use crate::entry::try_entry;

@@ -2,7 +2,7 @@
 ghost use Rattle.std.specs.Prelude.{◌≡◌, ◌<◌, ℕ, List, IfOk, length, map};
 ghost use Rattle.std.specs.List.{AllByRecursion};
 ghost use Rattle.rdf_values.specs.{Value, value_of};
-ghost use Rattle.rdf_model.specs.{for_all, Gives, with_needs};
+ghost use Rattle.rdf_model.specs.{for_all, Gives};
 ghost use Rattle.expr_eval.specs.{input_outcome};
 ghost use Rattle.snapshot_entries.specs.{AreHeld, AreKnown, AreServed, data_of, Grows, IsColumn, IsServed, IsStoredValue, IsWork, plan_of, version_in};
 

@@ -1,5 +1,5 @@
 // The script and the table from their files.
-ghost use Rattle.std.specs.Prelude.{◌≡◌, ◌≤◌, [], ◌∷◌, IfOk, OnOk};
+ghost use Rattle.std.specs.Prelude.{◌≤◌, [], ◌∷◌, IfOk, OnOk};
 ghost use Rattle.input_files.specs.{AreTurnedTo};
 ghost use Rattle.snapshot_words.specs.{IsAsked};
 ghost use Rattle.snapshot_program.specs.{IsScriptFile, ReadsInputs};

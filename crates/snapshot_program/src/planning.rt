@@ -2,9 +2,7 @@
 ghost use Rattle.std.specs.Prelude.{◌≡◌, ◌≤◌, ◌<◌, IfOk, length};
 ghost use Rattle.entry_fns.specs.{functions_in};
 ghost use Rattle.rdf_values.specs.{graph_cause_line, IsBookable};
-ghost use Rattle.graph_numbers.specs.{GraphView};
 ghost use Rattle.snapshot_due.specs.{cause_line, status_of};
-ghost use Rattle.snapshot_plan.specs.{cause_in, under_of};
 ghost use Rattle.snapshot_program.specs.{IsPlanned, IsWithin};
 
 use crate::answer::Answer;

@@ -1,8 +1,7 @@
 // What the program answers to its words, before anything is written.
-ghost use Rattle.std.specs.Prelude.{◌≡◌, ◌≤◌, IfOk, OnOk, None};
+ghost use Rattle.std.specs.Prelude.{◌≡◌, IfOk, OnOk};
 ghost use Rattle.entry_fns.specs.{functions_in};
 ghost use Rattle.snapshot_due.specs.{usage_line};
-ghost use Rattle.snapshot_words.specs.{asked_of};
 ghost use Rattle.snapshot_program.specs.{IsAnswer, TurnsBesides};
 
 use crate::answer::Answer;

@@ -1,5 +1,5 @@
 // The records of clusters, put together under a limit.
-ghost use Rattle.std.specs.Prelude.{◌≡◌, ◌+◌, ◌++◌, ◌≤◌, IfSome, OnOk, flat_map, length};
+ghost use Rattle.std.specs.Prelude.{◌≡◌, ◌+◌, ◌++◌, IfSome, OnOk, flat_map, length};
 ghost use Rattle.snapshot_text.specs.{header_text};
 ghost use Rattle.snapshot_plan.specs.{plan_columns};
 ghost use Rattle.snapshot_run.specs.{IsTogether};

@@ -1,5 +1,5 @@
 // The records of one cluster.
-ghost use Rattle.std.specs.Prelude.{◌≡◌, ◌<◌, length};
+ghost use Rattle.std.specs.Prelude.{◌<◌, length};
 ghost use Rattle.snapshot_entries.specs.{data_of, IsSkimOf, IsWork, plan_of};
 ghost use Rattle.snapshot_run.specs.{facts_of, IsMade, spans_of};
 

@@ -1,5 +1,5 @@
 // The records of all clusters.
-ghost use Rattle.std.specs.Prelude.{◌≡◌, ◌<◌, ◌≤◌};
+ghost use Rattle.std.specs.Prelude.{◌<◌, ◌≤◌};
 ghost use Rattle.snapshot_entries.specs.{data_of, IsWork, plan_of};
 ghost use Rattle.snapshot_run.specs.{AreRecords};
 

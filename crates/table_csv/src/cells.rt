@@ -1,5 +1,5 @@
 // Values from entries, put behind those of their columns.
-ghost use Rattle.std.specs.Prelude.{◌≡◌, ◌≤◌, ◌<◌, [], List, ℕ, Ok, MatchResult, length};
+ghost use Rattle.std.specs.Prelude.{◌≤◌, ◌<◌, Ok, MatchResult, length};
 ghost use Rattle.rdf_values.specs.{Answers, AreKept, cells_from, mark_of, row_of};
 ghost use Rattle.rdf_values.specs.Answered.{Refuses};
 ghost use Rattle.rdf_values.specs.tables.TableText.{cell_of};

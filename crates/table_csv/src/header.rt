@@ -1,5 +1,5 @@
 // Columns from a header.
-ghost use Rattle.std.specs.Prelude.{◌≡◌, ◌≤◌, ◌<◌, [], List, ℕ, Ok, IfOk, OnSome, MatchResult, length, position};
+ghost use Rattle.std.specs.Prelude.{◌≡◌, ◌≤◌, ◌<◌, [], Ok, IfOk, OnSome, MatchResult, length, position};
 ghost use Rattle.rdf_values.specs.Answered.{Refuses};
 ghost use Rattle.rdf_values.specs.{has_name, header_from, is_colon, is_cut, next_column, type_of};
 ghost use Rattle.csv.specs.Records.{fields_of};

@@ -1,5 +1,5 @@
 // Names of the functions that a caller hands in, each with its number of arguments.
-ghost use Rattle.std.specs.Prelude.{◌≡◌, ◌↔◌, ◌<◌, ◌≤◌, ℕ, List, [], ◌∷◌, ◌++◌, length, IsTrue, MatchOption, MatchResult, HoldsAt};
+ghost use Rattle.std.specs.Prelude.{◌≡◌, ◌↔◌, ◌<◌, ◌≤◌, List, [], ◌∷◌, ◌++◌, length, IsTrue, MatchOption, MatchResult, HoldsAt};
 ghost use Rattle.rdf_values.specs.expressions.Functions.{IsBuiltIn};
 
 use crate::scripts::name::Name;

@@ -1,5 +1,5 @@
 // Canonical integers.
-ghost use Rattle.std.specs.Prelude.{◌≡◌, ◌≤◌, ◌<◌, ◌^◌, ℕ, List, IfSome, length};
+ghost use Rattle.std.specs.Prelude.{◌≡◌, ◌≤◌, ◌<◌, ◌^◌, List, IfSome};
 ghost use Rattle.std.specs.Fmt.{signed_decimal};
 ghost use Rattle.rdf_values.specs.{AreLeading, begins_badly, digits_up_to, integer_of, IsDigit, IsLeading, magnitude_of};
 

@@ -1,5 +1,5 @@
 // Elements from the text of a vector.
-ghost use Rattle.std.specs.Prelude.{◌≡◌, ◌<◌, ◌≤◌, [], ◌∷◌, IfOk, length, position, take, MatchOption};
+ghost use Rattle.std.specs.Prelude.{◌≡◌, ◌<◌, [], ◌∷◌, IfOk, length, position, take, MatchOption};
 ghost use Rattle.std.specs.List.{slice_split};
 ghost use Rattle.rdf_values.specs.{AreRead, HasNoElement, is_semicolon, IsElement, vector_of};
 

@@ -6,5 +6,5 @@ use Rattle.cluster_tally.proofs.tally.Tally.add_pass.Goals as goal
 
 pub returns-clause-fresh : goal.returns-clause-fresh
 returns-clause-fresh c = λ kinds watched h.
-    rw (c.in_ok-push-2.ensures.items, c.in_ok-new.ensures.made, c.in_ok-push.ensures.items, c.in_ok-watcher.ensures.watcher, c.in_ok-watcher.ensures.trails)
-    (fresh_more kinds watched (the_view c.self.inside) c.args.kind.now (subst (λ (t : TallyView). IsFresh kinds watched t) (sym c.self.view_is) h) c.args.is_watched c.requires.watched)
+    rw (c.in_ok-push-2.ensures.items, c.in_ok-new.ensures.made, c.in_ok-push.ensures.items)
+    (fresh_more kinds watched (the_view c.self.inside) c.args.kind.now (subst (λ (t : TallyView). IsFresh kinds watched t) (sym c.self.view_is) h))
