@@ -1,6 +1,7 @@
 #!/usr/bin/env python3
 """What the documents name is there: linked files, each crate in docs/PROOFS.md and docs/ARCHITECTURE.md, and in the table of
-PROOFS each file and each clause, definition or law. README has at most 1,200 words. Ends with 1 where something is missing."""
+PROOFS each file and each clause, definition or law. Of a word that CONTRIBUTING follows through the crates its table names each
+file in which the word stands. README has at most 1,200 words. Ends with 1 where something is missing."""
 import glob
 import os
 import re
@@ -70,6 +71,35 @@ def missing_of_architecture():
     yield from (f"docs/ARCHITECTURE.md has no row of {crate}" for crate in crates() if f"\n| `{crate}` " not in page)
 
 
+def followed():
+    """The words that CONTRIBUTING follows, each as a pattern, with the crates of its table and what is quoted of each."""
+    part = text_of("CONTRIBUTING.md").split("## Where a new thing goes")[1].split("\n## ")[0]
+    for text in re.split(r"(?m)^(?=\*\*)", part):
+        word = re.match(r"\*\*[^*]+\*\*, as `(\w+)`( \(`grep -rwi)?", text)
+        if word:
+            quoted = {crate: QUOTED.findall(cells[1]) for crate, cells in rows(text)}
+            yield word[1], re.compile(rf"\b{word[1]}\b", re.IGNORECASE if word[2] else 0), quoted
+
+
+def missing_of_contributing():
+    for word, pattern, quoted in followed():
+        for folder in sorted(glob.glob(os.path.join(TOP, "crates", "*"))):
+            crate = os.path.basename(folder)
+            names = quoted.get(crate, [])
+            for name in names:
+                if re.fullmatch(r"[\w/]+\.(rt|antt)", name) and not os.path.exists(os.path.join(folder, name)):
+                    yield f"CONTRIBUTING.md, {word}: {crate} has no {name}"
+            code = glob.glob(os.path.join(folder, "src", "**", "*.rt"), recursive=True)
+            specs = glob.glob(os.path.join(folder, "specs", "**", "*.antt"), recursive=True)
+            for file in sorted(code + specs):
+                inside = os.path.relpath(file, folder)
+                stem = os.path.splitext(os.path.basename(file))[0]
+                if stem.lower() == "lib" or "tests" in inside or not pattern.search(text_of(file)):
+                    continue
+                if inside not in names and not (file.endswith(".antt") and stem in names):
+                    yield f"CONTRIBUTING.md, {word}: {crate} has it in {inside}"
+
+
 def long_readme():
     words = len(text_of("README.md").split())
     if words > MOST_WORDS:
@@ -77,7 +107,8 @@ def long_readme():
 
 
 def main():
-    faults = [*broken_links(), *missing_of_proofs(), *missing_of_architecture(), *long_readme()]
+    checks = (broken_links, missing_of_proofs, missing_of_architecture, missing_of_contributing, long_readme)
+    faults = [fault for check in checks for fault in check()]
     print("\n".join([*faults, f"docs: {len(faults)} faults"]))
     return 1 if faults else 0
 
